@@ -1,5 +1,5 @@
 -- When a worker may sweep in a thread of its own.
-use Rattle.std.specs.Prelude.{◌≡◌, ⊥, ℕ, ◌^◌, ◌<◌, ◌≤◌, length}
+use Rattle.std.specs.Prelude.{◌≡◌, ℕ, ◌^◌, ◌<◌, ◌≤◌, length}
 use Rattle.std.specs.List.{Any}
 use Rattle.live_check.specs.Order.{LiveGraph}
 use Rattle.line_worker.specs.Worker.{LineWorker, IsWorker}

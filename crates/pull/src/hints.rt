@@ -3,6 +3,7 @@
 mod completions;
 mod edits;
 mod files;
+mod keys;
 mod labels;
 mod nearest;
 mod places;

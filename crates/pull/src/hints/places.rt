@@ -5,7 +5,7 @@ use std::alloc::{AllocError, Global};
 /// The table of a plant file that a line belongs to. Stages, machines and loops are counted from 1, machines in their
 /// stage.
 #[derive(Clone, Copy, PartialEq)]
-enum FileTable {
+pub enum FileTable {
     Top,
     Stage(usize),
     Machine(usize, usize),
@@ -132,7 +132,7 @@ fn is_of_key(line: &str, key: &str) -> bool {
 }
 
 /// The table that a path leads to, and the key in it, which is empty where the path is that of the table.
-fn table_of(path: &str) -> Option<(FileTable, &str)> {
+pub fn table_of(path: &str) -> Option<(FileTable, &str)> {
     if let Some(rest) = path.strip_prefix("stage[") {
         let (stage, rest) = index_of(rest)?;
         return match rest.strip_prefix(".machine[") {

@@ -1,5 +1,6 @@
 //! What is said of a plant beside an answer: why it is refused, and how many notes there are on it.
 
+use super::keys::key_advice;
 use super::nearest::nearest_name;
 use super::places::{stage_names, with_line};
 use super::shown::shown;
@@ -13,6 +14,9 @@ const OF_PLANT: &str = "plant: ";
 
 /// What the fault begins with that a stage is to feed what isn't there.
 const FEEDS: &str = "feeds no later stage: ";
+
+/// What the fault begins with that a table has a key that none of its kind may have.
+const UNKNOWN: &str = "unknown key: ";
 
 /// What the lines of `lint` begin with that say what may not be meant.
 const NOTE: &str = "note: ";
@@ -38,10 +42,15 @@ pub fn first_fault<S: Store>(
     }
 }
 
-/// A fault of a plant file, with what its text tells of it: the line, and the stage that was meant where one is to be
-/// fed that isn't there.
+/// A fault of a plant file, with what its text tells of it: the line, the stage that was meant where one is to be fed
+/// that isn't there, and the key that was meant where its table has none such.
 fn with_text(alloc: Global, fault: &str, text: &str) -> Result<String, AllocError> {
     let told = with_line(alloc, fault, text)?;
+    if let Some(path) = fault.strip_prefix(UNKNOWN) {
+        let path = first_word(path);
+        let advice = key_advice(alloc, text.as_bytes(), path)?;
+        return format!(in alloc; "{told}{advice}");
+    }
     let Some((_, word)) = fault.rsplit_once(' ') else {
         return Ok(told);
     };
@@ -52,6 +61,14 @@ fn with_text(alloc: Global, fault: &str, text: &str) -> Result<String, AllocErro
     match nearest_name(alloc, names.as_slice(), word)? {
         Some(near) if near != word => format!(in alloc; "{told}, did you mean '{near}'?"),
         _ => Ok(told),
+    }
+}
+
+/// What stands before the first blank of a text.
+fn first_word(text: &str) -> &str {
+    match text.split_once(' ') {
+        Some((word, _)) => word,
+        None => text,
     }
 }
 
