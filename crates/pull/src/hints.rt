@@ -122,19 +122,22 @@ fn hint<R: Files, S: Store>(
     }
     let what = meaning(status);
     let next = advice(status, words);
+    let plant = plant_of(words);
+    let third = third_of(words);
     let (cause, instead) = match status {
-        NO_FILE => (None, Some(files_advice(rt, alloc, store, words, next)?)),
-        REFUSED if !is_word(words, 0, "lint") => {
-            (first_fault(alloc, store, plant_of(words))?, None)
-        }
-        NO_COUNT => (None, limit_advice(alloc, store, words)?),
-        NOT_EDITED => (None, edits_advice(alloc, store, words)?),
-        NO_DATE => (None, date_advice(alloc, store, words)?),
+        NO_FILE => (
+            None,
+            Some(files_advice(rt, alloc, store, plant, third, next)?),
+        ),
+        REFUSED if !is_word(words, 0, "lint") => (first_fault(alloc, store, plant)?, None),
+        NO_COUNT => (None, limit_advice(alloc, store, plant, third)?),
+        NOT_EDITED => (None, edits_advice(alloc, store, plant, third)?),
+        NO_DATE => (None, date_advice(alloc, store, plant, third)?),
         _ => (None, None),
     };
     let next = match instead {
         Some(next) => next,
-        None => for_plant(alloc, next, plant_of(words))?,
+        None => for_plant(alloc, next, plant)?,
     };
     match cause {
         Some(cause) => format!(in alloc; "pull: status {status}, {what}: {cause}; {next}"),
@@ -193,6 +196,14 @@ fn plant_of(words: &[String]) -> &str {
     match words.get(1) {
         Some(word) => word.as_str(),
         None => "PLANT",
+    }
+}
+
+/// The word behind the plant file: the wait, the edits or the label that a command asks of, empty where there is none.
+fn third_of(words: &[String]) -> &str {
+    match words.get(2) {
+        Some(word) => word.as_str(),
+        None => "",
     }
 }
 

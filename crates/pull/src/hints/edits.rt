@@ -12,19 +12,17 @@ use std::str;
 /// The words that a line of an edits file begins with.
 const FIRST_WORDS: [&str; 2] = ["time", "demand"];
 
-/// Why the first line that can't be followed can't, of the edits file that words name, where that is known.
+/// Why the first line that can't be followed can't, of the edits file of a plant file, where that is known.
 pub fn edits_advice<S: Store>(
     alloc: Global,
     store: &mut S,
-    words: &[String],
+    plant: &str,
+    edits: &str,
 ) -> Result<Option<String>, AllocError> {
-    let [_, plant, edits, ..] = words else {
+    let Ok(live) = read_live_plant(alloc, store, plant) else {
         return Ok(None);
     };
-    let Ok(live) = read_live_plant(alloc, store, plant.as_str()) else {
-        return Ok(None);
-    };
-    match read_file(alloc, store, edits.as_str()) {
+    match read_file(alloc, store, edits) {
         Ok(bytes) => match str::from_utf8(bytes.as_slice()) {
             Ok(text) => first_fault(alloc, &live, text),
             Err(_) => Ok(Some(String::from_str(alloc, "the edits are no UTF-8")?)),

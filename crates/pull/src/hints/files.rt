@@ -6,68 +6,43 @@ use std::alloc::{AllocError, Global};
 use std::fs;
 use std::fs::Files;
 
-/// What to do about a file that can't be read or written: it is looked for again, and what is found is said. Where
-/// nothing more is known of it, that is what stands for all such files.
+/// What to do about a file that can't be read or written, of a plant file or the further one beside it: it is looked for
+/// again, and what is found is said. Where nothing more is known of it, that is what stands for all such files.
 pub fn files_advice<R: Files, S: Store>(
     rt: &R,
     alloc: Global,
     store: &mut S,
-    words: &[String],
+    plant: &str,
+    further: &str,
     of_all: &str,
 ) -> Result<String, AllocError> {
-    match missing_file(alloc, store, words)? {
-        Some(name) => advice_for(rt, alloc, name.as_str(), plant_of(words), of_all),
+    match missing_file(alloc, store, plant, further)? {
+        Some(name) => advice_for(rt, alloc, name.as_str(), plant, of_all),
         None => String::from_str(alloc, of_all),
     }
 }
 
-/// The name of the plant file, if words name one.
-fn plant_of(words: &[String]) -> &str {
-    match words.get(1) {
-        Some(word) => word.as_str(),
-        None => "",
-    }
-}
-
-/// The first file that can't be read: of the plant and what it names, and then of the further file that words name.
+/// The first file that can't be read: of the plant and what it names, and then the further one, if there is one.
 fn missing_file<S: Store>(
     alloc: Global,
     store: &mut S,
-    words: &[String],
+    plant: &str,
+    further: &str,
 ) -> Result<Option<String>, AllocError> {
-    if let Some(name) = unread_of_plant(alloc, store, plant_of(words))? {
+    if let Some(name) = unread(alloc, read_live_plant(alloc, store, plant))? {
         return Ok(Some(name));
     }
-    match words.get(2) {
-        Some(file) if !file.starts_with('-') => unread(alloc, store, file.as_str()),
-        _ => Ok(None),
+    if further.is_empty() || further.starts_with('-') {
+        return Ok(None);
     }
+    unread(alloc, read_file(alloc, store, further))
 }
 
-/// The first file that can't be read of a plant file and of those that it names.
-fn unread_of_plant<S: Store>(
-    alloc: Global,
-    store: &mut S,
-    plant: &str,
-) -> Result<Option<String>, AllocError> {
-    match read_live_plant(alloc, store, plant) {
-        Ok(line) => {
-            drop(line);
-            Ok(None)
-        }
-        Err(refusal) => name_in(alloc, refusal),
-    }
-}
-
-/// The name of a file, if it can't be read.
-fn unread<S: Store>(
-    alloc: Global,
-    store: &mut S,
-    file: &str,
-) -> Result<Option<String>, AllocError> {
-    match read_file(alloc, store, file) {
-        Ok(bytes) => {
-            drop(bytes);
+/// The file that can't be read, if a reading was refused for one.
+fn unread<T: Drop>(alloc: Global, read: Result<T, Refusal>) -> Result<Option<String>, AllocError> {
+    match read {
+        Ok(value) => {
+            drop(value);
             Ok(None)
         }
         Err(refusal) => name_in(alloc, refusal),

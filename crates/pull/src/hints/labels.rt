@@ -45,27 +45,25 @@ pub fn meant<'a>(
     nearest_name(alloc, labels, word)
 }
 
-/// What to do where no station of a plant has the label that words name, or it has fewer jobs: the label that was meant,
-/// or how many jobs there are.
+/// What to do where no station of a plant has this label, or it has fewer jobs: the label that was meant, or how many
+/// jobs there are.
 pub fn date_advice<S: Store>(
     alloc: Global,
     store: &mut S,
-    words: &[String],
+    plant: &str,
+    label: &str,
 ) -> Result<Option<String>, AllocError> {
-    let [_, plant, label, ..] = words else {
-        return Ok(None);
-    };
-    let Ok(live) = read_live_plant(alloc, store, plant.as_str()) else {
+    let Ok(live) = read_live_plant(alloc, store, plant) else {
         return Ok(None);
     };
     let graph = live.live.graph();
     let labels = labels_of(alloc, graph)?;
     let labels = labels.as_slice();
-    if is_label(labels, label.as_str()) {
+    if is_label(labels, label) {
         let jobs = graph.jobs();
         return Ok(Some(format!(in alloc; "jobs are 1 to {jobs}")?));
     }
-    match meant(alloc, labels, label.as_str())? {
+    match meant(alloc, labels, label)? {
         Some(near) => Ok(Some(format!(in alloc; "did you mean '{near}'?")?)),
         None => Ok(None),
     }

@@ -12,20 +12,18 @@ use plant_model::FEED;
 use std::alloc::{AllocError, Global};
 use std::str;
 
-/// What holds back the first job that waits too long with the most cards, of the plant and the wait that words name: a
+/// What holds back the first job that waits too long with the most cards, of a plant file and of the word for a wait: a
 /// machine whose servers are busy, or the stock of the last stage.
 pub fn limit_advice<S: Store>(
     alloc: Global,
     store: &mut S,
-    words: &[String],
+    file: &str,
+    wait: &str,
 ) -> Result<Option<String>, AllocError> {
-    let [_, file, wait, ..] = words else {
+    let Ok(wait) = wait.parse::<u64>() else {
         return Ok(None);
     };
-    let Ok(wait) = wait.as_str().parse::<u64>() else {
-        return Ok(None);
-    };
-    let Ok(plant) = read_plant_files(alloc, store, file.as_str()) else {
+    let Ok(plant) = read_plant_files(alloc, store, file) else {
         return Ok(None);
     };
     let most = sized_plant(alloc, &plant, MAX_CARDS)?;
@@ -33,7 +31,7 @@ pub fn limit_advice<S: Store>(
         return Ok(None);
     }
     match live_plant_of(alloc, most) {
-        Ok(live) => limit_of(alloc, &live, wait, file.as_str()),
+        Ok(live) => limit_of(alloc, &live, wait, file),
         Err(_) => Ok(None),
     }
 }
